@@ -1,15 +1,10 @@
 // The number that an operation answers: kind × 2^32 + number.
 ghost use Rattle.std.specs.Prelude.{◌≡◌};
-ghost use Rattle.terms_bytes.specs.Refusals.{number_of};
-ghost use Rattle.terms_checks.specs.Checking.{checked_answer};
-ghost use Rattle.terms_bytes.specs.Writing.{written_answer};
-ghost use Rattle.verdict_judge.specs.Judging.{judged_answer};
 ghost use Rattle.verdict.specs.Outcome.{code_of, gave, turned_back, unsettled_outcome, same_of, different_of, none_outcome, of_number, of_verdict, Small};
-ghost use Rattle.fewest_lists.specs.Bests.{apart_outcome};
-ghost use Rattle.exchange_codes.specs.Listed.{of_steps};
+ghost use Rattle.exchange_codes.specs.ByNumber.{checked_answer_by, written_answer_by, of_steps_by, judged_answer_by, apart_outcome_by};
 
+use check_numbers::CheckNumber;
 use fewest_lists::best::Choice;
-use terms_bytes::answer::Refusal;
 use verdict_judge::judge::Verdict;
 
 // What an answer's kind adds to its number: kind × 2^32.
@@ -25,8 +20,8 @@ const DIFFERENT: u64 = 4 << 32;
 
 const NONE: u64 = 5 << 32;
 
-fn refusal(refusal: Refusal) -> u64
-    ensures { result ≡ code_of (turned_back (number_of refusal)) }
+fn refusal<E: CheckNumber>(refusal: E) -> u64
+    ensures { result ≡ code_of (turned_back (E.told refusal)) }
 {
     REFUSED + refusal.number() as u64
 }
@@ -65,8 +60,8 @@ fn none() -> u64
 }
 
 // These conversions are no `From<..> for u64`: `Result` is not this repository's type, and `judged_code` asks for a small number.
-pub fn checked_code(answer: Result<(), Refusal>) -> u64
-    ensures { result ≡ code_of (of_number (checked_answer answer)) }
+pub fn checked_code<E: CheckNumber>(answer: Result<(), E>) -> u64
+    ensures { result ≡ code_of (of_number (checked_answer_by E.told answer)) }
 {
     match answer {
         Ok(()) => given(0),
@@ -74,8 +69,8 @@ pub fn checked_code(answer: Result<(), Refusal>) -> u64
     }
 }
 
-pub fn written_code(answer: Result<usize, Refusal>) -> u64
-    ensures { result ≡ code_of (of_number (written_answer answer)) }
+pub fn written_code<E: CheckNumber>(answer: Result<usize, E>) -> u64
+    ensures { result ≡ code_of (of_number (written_answer_by E.told answer)) }
 {
     match answer {
         Ok(n) => given(n),
@@ -83,8 +78,8 @@ pub fn written_code(answer: Result<usize, Refusal>) -> u64
     }
 }
 
-pub fn listed_code(answer: Result<Option<usize>, Refusal>) -> u64
-    ensures { result ≡ code_of (of_steps answer) }
+pub fn listed_code<E: CheckNumber>(answer: Result<Option<usize>, E>) -> u64
+    ensures { result ≡ code_of (of_steps_by E.told answer) }
 {
     match answer {
         Ok(listed) => match listed {
@@ -95,9 +90,9 @@ pub fn listed_code(answer: Result<Option<usize>, Refusal>) -> u64
     }
 }
 
-pub fn judged_code(answer: Result<Verdict, Refusal>) -> u64
-    requires { Small (of_verdict (judged_answer answer)) }
-    ensures { result ≡ code_of (of_verdict (judged_answer answer)) }
+pub fn judged_code<E: CheckNumber>(answer: Result<Verdict, E>) -> u64
+    requires { Small (of_verdict (judged_answer_by E.told answer)) }
+    ensures { result ≡ code_of (of_verdict (judged_answer_by E.told answer)) }
 {
     match answer {
         Ok(verdict) => match verdict {
@@ -109,8 +104,8 @@ pub fn judged_code(answer: Result<Verdict, Refusal>) -> u64
     }
 }
 
-pub fn apart_code(answer: Result<Choice, Refusal>) -> u64
-    ensures { result ≡ code_of (apart_outcome answer) }
+pub fn apart_code<E: CheckNumber>(answer: Result<Choice, E>) -> u64
+    ensures { result ≡ code_of (apart_outcome_by E.told answer) }
 {
     match answer {
         Ok(choice) => match choice {

@@ -1,11 +1,14 @@
 // Answers as lines of standard output. A line that cannot be written is an error.
 #![tactic(auto)]
 
+use check_numbers::CheckNumber;
 use std::io;
-use terms_bytes::answer::Refusal;
 use verdict_judge::judge::Verdict;
 
-pub fn print_verdict(rt: &impl Print, judged: Result<Verdict, Refusal>) -> io::Result<()> {
+pub fn print_verdict<E: CheckNumber>(
+    rt: &impl Print,
+    judged: Result<Verdict, E>,
+) -> io::Result<()> {
     match judged {
         Ok(Verdict::Unsettled) => println!(rt; "unsettled 0"),
         Ok(Verdict::Same(n)) => println!(rt; "same {n}"),

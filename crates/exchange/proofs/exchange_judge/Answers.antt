@@ -2,14 +2,15 @@ use Rattle.std.proofs.Common.{sym, ◌∙◌, ap, subst}
 use Rattle.verdict.specs.Verdict.{openly}
 use Rattle.verdict.specs.Outcome.{code_of, of_verdict, Small}
 use Rattle.verdict.proofs.SmallOutcomes.{judge_small}
+use Rattle.exchange_codes.proofs.Numbered.{judged_numbered}
 use Rattle.exchange.proofs.exchange_judge.Goals as goal
 
 pub judged_code-requires : goal.judged_code-requires
-judged_code-requires c = subst (λ m. Small (of_verdict m)) (sym c.judge.ensures.answer) (judge_small openly _ _ _)
+judged_code-requires c = subst (λ m. Small (of_verdict m)) (sym (judged_numbered _ ∙ c.judge.ensures.answer)) (judge_small openly _ _ _)
 
 pub returns : goal.returns
 returns c =
     record {
-      answer = record { number = c.judged_code.ensures ∙ ap (λ m. code_of (of_verdict m)) c.judge.ensures.answer; small = judge_small openly _ _ _ };
+      answer = record { number = c.judged_code.ensures ∙ ap (λ m. code_of (of_verdict m)) (judged_numbered _ ∙ c.judge.ensures.answer); small = judge_small openly _ _ _ };
       left = c.judge.ensures.left;
     }

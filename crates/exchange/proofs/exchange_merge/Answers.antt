@@ -1,11 +1,12 @@
 use Rattle.std.proofs.Common.{◌∙◌, ap}
 use Rattle.verdict.specs.Outcome.{code_of, of_number}
 use Rattle.verdict.proofs.SmallOutcomes.{merge_small}
+use Rattle.exchange_codes.proofs.Numbered.{written_numbered}
 use Rattle.exchange.proofs.exchange_merge.Goals as goal
 
 pub returns : goal.returns
 returns c =
     record {
-      answer = record { number = c.written_code.ensures ∙ ap (λ m. code_of (of_number m)) c.merge.ensures.answer; small = merge_small _ _ _ _ };
+      answer = record { number = c.written_code.ensures ∙ ap (λ m. code_of (of_number m)) (written_numbered _ ∙ c.merge.ensures.answer); small = merge_small _ _ _ _ };
       left = c.merge.ensures.left;
     }

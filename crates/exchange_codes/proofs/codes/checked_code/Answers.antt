@@ -1,12 +1,12 @@
 use mathlib.Core.Path.{sym, ◌∙◌, ap}
-use Rattle.terms_checks.specs.Checking.{checked_answer}
 use Rattle.verdict.specs.Outcome.{code_of, of_number}
+use Rattle.exchange_codes.specs.ByNumber.{checked_answer_by}
 use Rattle.exchange_codes.proofs.codes.checked_code.Goals as goal
 
 pub returns-in-Ok : goal.returns-in-Ok
-unfolding of_number checked_answer
-returns-in-Ok c = c.given.ensures ∙ ap (λ a. code_of (of_number (checked_answer a))) (sym c.in-Ok.is)
+unfolding of_number checked_answer_by
+returns-in-Ok g c = c.given.ensures ∙ ap (λ a. code_of (of_number (checked_answer_by g.E.CheckNumber.told a))) (sym c.in-Ok.is)
 
 pub returns-in-Err : goal.returns-in-Err
-unfolding of_number checked_answer
-returns-in-Err c = c.refusal.ensures ∙ ap (λ a. code_of (of_number (checked_answer a))) (sym c.in-Err.is)
+unfolding of_number checked_answer_by
+returns-in-Err g c = c.refusal.ensures ∙ ap (λ a. code_of (of_number (checked_answer_by g.E.CheckNumber.told a))) (sym c.in-Err.is)

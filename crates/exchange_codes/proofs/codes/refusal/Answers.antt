@@ -5,4 +5,4 @@ use Rattle.exchange_codes.proofs.codes.refusal.Goals as goal
 -- src/lib.rt:9:1
 pub returns : goal.returns
 unfolding code_of coded
-returns c = omega arith
+returns g c = omega arith
