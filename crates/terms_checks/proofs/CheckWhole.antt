@@ -57,7 +57,7 @@ module _ (ed : Edition) (s : List ℕ) (some : 0 < length s) (first : get_or s 0
         rw (behind-version, le-leb (length s) longest_question short, framed_there s bytes (eqb-true (after_field s (apart_place s)) (length s) e))
 
 -- The edition that the first byte says.
-says_two : (s : List ℕ) → get_or s 0 0 ≡ 2 → edition_of s ≡ two
+pub says_two : (s : List ℕ) → get_or s 0 0 ≡ 2 → edition_of s ≡ two
 unfolding edition_of
 says_two s e = go (eqb (get_or s 0 0) 2) (eq-eqb (get_or s 0 0) 2 e)
   where
@@ -65,7 +65,7 @@ says_two s e = go (eqb (get_or s 0 0) 2) (eq-eqb (get_or s 0 0) 2 e)
     go true q = refl
     go false q = absurd (false≢true q)
 
-says_one : (s : List ℕ) → (get_or s 0 0 ≡ 2 → ⊥) → edition_of s ≡ one
+pub says_one : (s : List ℕ) → (get_or s 0 0 ≡ 2 → ⊥) → edition_of s ≡ one
 unfolding edition_of
 says_one s n = go (eqb (get_or s 0 0) 2) (ne_eqb (get_or s 0 0) 2 n)
   where
