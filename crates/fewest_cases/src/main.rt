@@ -5,7 +5,7 @@
 
 use fewest_lists::best::Choice;
 use fewest_search::apart::apart;
-use questions::{MOST_INPUT, question_at};
+use questions::{MOST_INPUT, questions_in};
 use std::io;
 use std::io::Read;
 use terms_bytes::answer::Refusal;
@@ -49,8 +49,8 @@ fn main(rt: HostRuntime) -> io::Result<()> {
     let mut input = Vec::new(rt.alloc());
     rt.reader().take(MOST_INPUT).read_to_end(&mut input)?;
     let mut work = [0u8; WORK_BYTES];
-    for k in 0..get(&input, 0) as usize {
-        write_answer(&rt, question_at(&input, k), &mut work)?;
+    for question in questions_in(&input) {
+        write_answer(&rt, question, &mut work)?;
     }
     Ok(())
 }

@@ -2,10 +2,9 @@
 // in two bytes, as the fields of a question do. No more than 65,536 bytes are read.
 #![tactic(auto)]
 
-use questions::{MOST_INPUT, question_at};
+use questions::{MOST_INPUT, questions_in};
 use std::io;
 use std::io::Read;
-use terms_bytes::bytes::get;
 use terms_checks::check::check;
 
 fn write_answer(rt: &impl Print, question: &[u8]) -> io::Result<()> {
@@ -18,8 +17,8 @@ fn write_answer(rt: &impl Print, question: &[u8]) -> io::Result<()> {
 fn main(rt: HostRuntime) -> io::Result<()> {
     let mut input = Vec::new(rt.alloc());
     rt.reader().take(MOST_INPUT).read_to_end(&mut input)?;
-    for k in 0..get(&input, 0) as usize {
-        write_answer(&rt, question_at(&input, k))?;
+    for question in questions_in(&input) {
+        write_answer(&rt, question)?;
     }
     Ok(())
 }

@@ -3,7 +3,7 @@
 // than 65,536 bytes are read.
 #![tactic(auto)]
 
-use questions::{MOST_INPUT, question_at};
+use questions::{MOST_INPUT, questions_in};
 use std::io;
 use std::io::Read;
 use steps_entries::limits::{MOST_STEPS, STEP_BYTES};
@@ -61,8 +61,8 @@ fn write_steps(rt: &impl Print, input: &[u8]) -> io::Result<()> {
 fn main(rt: HostRuntime) -> io::Result<()> {
     let mut input = Vec::new(rt.alloc());
     rt.reader().take(MOST_INPUT).read_to_end(&mut input)?;
-    for k in 0..get(&input, 0) as usize {
-        write_steps(&rt, question_at(&input, k))?;
+    for question in questions_in(&input) {
+        write_steps(&rt, question)?;
     }
     Ok(())
 }

@@ -3,21 +3,48 @@
 #![tactic(auto)]
 
 ghost use Rattle.std.specs.Prelude.{◌≡◌};
-ghost use Rattle.terms_bytes.specs.FieldPlaces.{field_at};
-ghost use Rattle.questions.specs.Questions.{question_place};
+ghost use Rattle.std.specs.Iterator.{YieldsFirstRef, at_most};
+ghost use Rattle.questions.specs.Questions.{questions_from, questions_of};
 
+use terms_bytes::bytes::get;
 use terms_bytes::frame::{after_field, field_at};
 
 // No more of standard input is read.
 pub const MOST_INPUT: u64 = 65536;
 
-// Question `k` of the input, from 0; nothing where it runs past the end.
-pub fn question_at(input: &[u8], k: usize) -> &[u8]
-    ensures { result.now ≡ field_at input.now (question_place input.now k) }
+// So many questions of the input, of which the first begins at `at` with its length. A question is nothing where it runs past the end.
+#[derive(Drop)]
+pub struct Questions<'a> {
+    input: &'a [u8],
+    at: usize,
+    count: usize,
+}
+
+// The questions of the input, in order.
+pub fn questions_in(input: &[u8]) -> Questions<'_>
+    ensures { questions_from result.input.now result.at result.count ≡ questions_of input.now }
 {
-    let mut at = 1;
-    for i in 0..k {
-        at = after_field(input, at);
+    Questions {
+        input,
+        at: 1,
+        count: get(input, 0) as usize,
     }
-    field_at(input, at)
+}
+
+impl<'a> Iterator for Questions<'a> {
+    type Item = &'a [u8];
+
+    ghost next_gives = { YieldsFirstRef (λ s. questions_from s.input.now s.at s.count) };
+
+    ghost remaining = { λ s. at_most s.count };
+
+    fn next(&mut self) -> Option<&'a [u8]> {
+        if self.count == 0 {
+            return None;
+        }
+        let question = field_at(self.input, self.at);
+        self.at = after_field(self.input, self.at);
+        self.count -= 1;
+        Some(question)
+    }
 }

@@ -2,7 +2,7 @@
 // bytes, and begins with a byte for the relation, 0 open, 1 late, 2 early, and with its capacity in two bytes. No more than 65,536 bytes are read.
 #![tactic(auto)]
 
-use questions::{MOST_INPUT, question_at};
+use questions::{MOST_INPUT, questions_in};
 use report::print_verdict;
 use std::io;
 use std::io::Read;
@@ -29,8 +29,8 @@ fn main(rt: HostRuntime) -> io::Result<()> {
     let mut input = Vec::new(rt.alloc());
     rt.reader().take(MOST_INPUT).read_to_end(&mut input)?;
     let mut work = [0u8; WORK_BYTES];
-    for k in 0..get(&input, 0) as usize {
-        write_answer(&rt, question_at(&input, k), &mut work)?;
+    for question in questions_in(&input) {
+        write_answer(&rt, question, &mut work)?;
     }
     Ok(())
 }
