@@ -126,11 +126,18 @@ fn action_kind(kind: u8) -> u8
     if MATCHED < kind { kind - MATCHED } else { kind }
 }
 
-// Whether the candidate of a row of this kind receives, beneath a match or not.
+// Whether the candidate of a row of this kind receives, beneath a match or not. By branches: as one condition it makes the loop over the right rows
+// longer.
 fn receives(kind: u8) -> bool
     ensures { result ≡ eqb (action_kind kind) 1 }
 {
-    kind == INPUT || kind == MATCHED_INPUT
+    if kind == INPUT {
+        return true;
+    }
+    if kind == MATCHED_INPUT {
+        return true;
+    }
+    false
 }
 
 // Whether the candidates of two rows may communicate: by their kinds, and by the channel of one and those that may be merged with the other's. A
@@ -153,7 +160,9 @@ fn may_meet(k1: u8, low: u8, high: u8, k2: u8, c2: u8) -> bool
     false
 }
 
-// The first of the right rows from `from` up to `last` that may meet a left row of this kind and channel, if there is one. Most do not.
+// The first of the right rows from `from` up to `last` that may meet a left row of this kind and channel, if there is one. Most do not. A function of
+// its own, so that its loop has the registers to itself.
+#[inline(never)]
 fn next_met(rows: &[u8], kind: u8, channel: u8, from: usize, last: usize) -> Option<usize>
     requires { (from ≤ last) × (last ≤ most_rows) × (row_bytes * most_rows ≤ length rows.now) }
     ensures inside { MetInside last result }

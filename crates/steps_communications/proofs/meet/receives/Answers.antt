@@ -1,10 +1,10 @@
 use mathlib.Core.Bool.{Bool, true, false, cond}
 use mathlib.Core.Logic.{◌⊎◌, inl, inr, ⊎_elim}
-use mathlib.Core.Path.{◌≡◌, refl, sym}
+use mathlib.Core.Path.{◌≡◌, refl}
 use native.Mathlib.Omega.{arith}
 use Prim.Native.Nat.{ℕ, ◌-◌}
-use lib.Dec.{eqb, ltb}
-use borrow.Author.Tests.{ltb-true, eqb-true, eqb-false, ne_eqb}
+use lib.Dec.{ltb}
+use borrow.Author.Tests.{ltb-true, ne_eqb}
 use Rattle.steps_rows.specs.Rows.{action_kind}
 use Rattle.steps_communications.proofs.meet.receives.Goals as goal
 
@@ -20,13 +20,11 @@ pub returns-then-kind-eq-INPUT : goal.returns-then-kind-eq-INPUT
 unfolding action_kind
 returns-then-kind-eq-INPUT c = rw c.if-kind-eq-INPUT.true refl
 
-other-kinds : (k : ℕ) → (k ≡ 1 → ⊥) → eqb k 5 ≡ eqb (action_kind k) 1
+pub returns-then-kind-eq-MATCHED_INPUT : goal.returns-then-kind-eq-MATCHED_INPUT
 unfolding action_kind
-other-kinds k n = go (eqb k 5) refl
-  where
-    go : (b : Bool) → eqb k 5 ≡ b → b ≡ eqb (action_kind k) 1
-    go true e = rw (eqb-true k 5 e) refl
-    go false e = sym (ne_eqb (action_kind k) 1 (λ f. ⊎_elim n (eqb-false k 5 e) (input-kinds k f)))
+returns-then-kind-eq-MATCHED_INPUT c = rw c.if-kind-eq-MATCHED_INPUT.true refl
 
-pub returns-else-kind-eq-INPUT : goal.returns-else-kind-eq-INPUT
-returns-else-kind-eq-INPUT c = other-kinds c.args.kind c.if-kind-eq-INPUT.false
+pub returns : goal.returns
+returns c =
+    let k = c.args.kind in
+    simp (ne_eqb (action_kind k) 1 (λ e. ⊎_elim c.if-kind-eq-INPUT.false c.if-kind-eq-MATCHED_INPUT.false (input-kinds k e)))
