@@ -4,7 +4,7 @@ ghost use Rattle.std.proofs.lemmas.List.Edits.{sets};
 ghost use Rattle.terms_bytes.specs.NameTable.{beneath, renamed_byte};
 ghost use Rattle.terms_renaming.specs.Renaming.{RenameIs, RenamedFrontIs, RenamedBeneathIs};
 
-use terms_bytes::bytes::{copy, get, room};
+use terms_bytes::bytes::{get, room};
 use terms_bytes::limits::TABLE_NAMES;
 use terms_bytes::shape::{Front, shape_at};
 
@@ -56,6 +56,16 @@ pub fn rename_bytes(
     }
 }
 
+// Copies the one or two bytes before a front's names: for so few the library's copy takes longer than a loop.
+fn copy_few(src: &[u8], at: usize, n: usize, out: &mut [u8], put: usize)
+    requires { (at + n ≤ length src.now) × (put + n ≤ length out.old) }
+    ensures { out.new ≡ sets out.old put (take n (drop at src.now)) }
+{
+    for i in 0..n {
+        out[put + i] = src[at + i];
+    }
+}
+
 // Copies the front of the term at `at` to `put`, its names renamed; none where it is not all there, or doesn't fit.
 fn rename_front(
     src: &[u8],
@@ -81,7 +91,7 @@ fn rename_front(
     if !room(out.len(), put, n) {
         return None;
     }
-    copy(src, at, fixed, out, put);
+    copy_few(src, at, fixed, out, put);
     rename_bytes(src, at + fixed, names, inner, table, out, put + fixed);
     Some(Front {
         len: n,

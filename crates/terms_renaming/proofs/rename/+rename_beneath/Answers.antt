@@ -1,7 +1,4 @@
-use mathlib.Core.Path.{subst}
-use Prim.Native.Nat.{◌-◌, ℕ, ◌<◌}
 use native.Mathlib.Omega.{arith}
-use lib.ListN.{length}
 use Rattle.terms_renaming.proofs.RenamingWalk.{renamed_nowhere, renamed-none, renamed_one, renamed_two}
 use Rattle.terms_renaming.proofs.rename.+rename_beneath.Goals as goal
 

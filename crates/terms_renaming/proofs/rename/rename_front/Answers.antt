@@ -23,8 +23,8 @@ returns-then-not-room-2 c =
     (none_full a.src.now a.at a.arities.now a.out.now a.put c.shape_at-h.result
     c.shape_at-h.ensures (leb-false _ _ (sym c.room-2.ensures ∙ c.if-not-room-2.true)))
 
-pub copy-requires : goal.copy-requires
-copy-requires c =
+pub copy_few-requires : goal.copy_few-requires
+copy_few-requires c =
     let a = c.args in
     let h = c.shape_at-h.result in
     let s = leb-true (a.at + (h.fixed + h.names)) (length a.src.now) (sym c.room.ensures ∙ c.if-not-room.false) in
@@ -47,7 +47,7 @@ rename_bytes-requires c =
     let h = c.shape_at-h.result in
     let s = leb-true (a.at + (h.fixed + h.names)) (length a.src.now) (sym c.room.ensures ∙ c.if-not-room.false) in
     let o = leb-true (a.put + (h.fixed + h.names)) (length a.out.now) (sym c.room-2.ensures ∙ c.if-not-room-2.false) in
-    omega (arith, c.copy.auto.out)
+    omega (arith, c.copy_few.auto.out)
 
 pub returns : goal.returns
 returns c =
@@ -56,4 +56,4 @@ returns c =
     let s = leb-true (a.at + (h.fixed + h.names)) (length a.src.now) (sym c.room.ensures ∙ c.if-not-room.false) in
     let o = leb-true (a.put + (h.fixed + h.names)) (length a.out.now) (sym c.room-2.ensures ∙ c.if-not-room-2.false) in
     front-renamed a.src.now a.at a.arities.now a.inner a.table.now a.out.now a.put h _ _ c.shape_at-h.ensures s o
-    c.copy.ensures c.rename_bytes.ensures
+    c.copy_few.ensures c.rename_bytes.ensures
