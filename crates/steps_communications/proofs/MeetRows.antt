@@ -11,6 +11,7 @@ use Prim.Native.Nat.{ℕ, zero, suc, ◌+◌, ◌*◌, ◌-◌, ◌<◌, ◌≤�
 use lib.Dec.{eqb}
 use lib.ListN.{length, get_or, take, drop, length-map, take-append-drop}
 use lib.Seq.{take-suc, take_all}
+use Rattle.std.specs.Prelude.{Option, Some, None}
 use Rattle.calculus.specs.Term.{Term, par}
 use Rattle.calculus.proofs.Renaming.{map-++}
 use Rattle.terms.specs.Limits.{name_count, longest_term}
@@ -29,7 +30,7 @@ use Rattle.steps_placing.specs.Deciding.{decided, Again}
 use Rattle.steps.specs.Limits.{most_steps}
 use Rattle.steps.specs.Listing.{collect}
 use Rattle.steps.specs.Listed.{ListedStep}
-use Rattle.steps_communications.specs.Meeting.{may_meet, NextMetIs, Unblocked, PairIs, MeetRowIs}
+use Rattle.steps_communications.specs.Meeting.{may_meet, MetInside, met_or, NextMetIs, Unblocked, PairIs, MeetRowIs}
 use Rattle.steps_splicing.specs.ListedParts.{Lists}
 use Rattle.steps_rows.specs.Rows.{kind_at, channel_at, object_at, Row, RowsBehind, Rows}
 use Rattle.steps_communications.specs.Met.{MeetsIs}
@@ -112,6 +113,14 @@ module _ (question part : List ℕ) (at depth number x : ℕ) (rows : List ℕ) 
   abbrev pub Paired : ℕ → ℕ → List ℕ → Type 0
   Paired w n area = (q : Question) (P : Term) (K : List Frame) (L R : Term) (first : ℕ) (s : Candidate) → RowCase q P K L R first s
       → Progresses (met K s (visible (body_of q.bodies) 1 R)) x area₀ count (w - middle) n area
+
+  -- The pairs before the row that an answer says have been put into the list, and that row may meet; all have, where it says none.
+  abbrev pub Next : Option ℕ → ℕ → List ℕ → Type 0
+  Next (Some w) n area = (middle ≤ w) × (w < last) × Paired w n area × (may_meet (kind_at rows row) (channel_at rows row) (kind_at rows w) (channel_at rows w) ≡ true)
+  Next None n area = Paired last n area
+
+  pub next_of : (next other : Option ℕ) → next ≡ other → (n : ℕ) (area : List ℕ) → Next next n area → Next other n area
+  next_of next other e n area p = coe 0 1 (i. Next (e i) n area) p
 
   pub paired_start : Paired middle count area₀
   paired_start q P K L R first s c =
@@ -238,6 +247,11 @@ module _ (question part : List ℕ) (at depth number x : ℕ) (rows : List ℕ) 
     pub pairs_skipped : (from r : ℕ) → middle ≤ from → NextMetIs rows (kind_at rows row) (channel_at rows row) from last r → Paired from n area → Paired r n area
     pairs_skipped from r on next p =
         let o = next.on in skip (r - from) from p on r (omega arith) next.inside next.apart
+
+    pub next_row : (from : ℕ) (next : Option ℕ) → middle ≤ from → MetInside last next → NextMetIs rows (kind_at rows row) (channel_at rows row) from last (met_or last next)
+        → Paired from n area → Next next n area
+    next_row from (Some w) on h is p = let o = is.on in (omega arith, h, pairs_skipped from w on is p, is.meets h)
+    next_row from None on h is p = pairs_skipped from last on is p
 
 -- The communications of more candidates on the left.
 communications-++ : (ss us ts : List Candidate) → communications (ss ++ us) ts ≡ communications ss ts ++ communications us ts

@@ -126,8 +126,8 @@ fn action_kind(kind: u8) -> u8
     if MATCHED < kind { kind - MATCHED } else { kind }
 }
 
-// Whether the candidate of a row of this kind receives, beneath a match or not. By branches: as one condition it makes the loop over the right rows
-// longer.
+// Whether the candidate of a row of this kind receives, beneath a match or not. By branches: as one condition it slows down the loop over the right
+// rows.
 fn receives(kind: u8) -> bool
     ensures { result ≡ eqb (action_kind kind) 1 }
 {
@@ -160,9 +160,7 @@ fn may_meet(k1: u8, low: u8, high: u8, k2: u8, c2: u8) -> bool
     false
 }
 
-// The first of the right rows from `from` up to `last` that may meet a left row of this kind and channel, if there is one. Most do not. A function of
-// its own, so that its loop has the registers to itself.
-#[inline(never)]
+// The first of the right rows from `from` up to `last` that may meet a left row of this kind and channel, if there is one. Most do not.
 fn next_met(rows: &[u8], kind: u8, channel: u8, from: usize, last: usize) -> Option<usize>
     requires { (from ≤ last) × (last ≤ most_rows) × (row_bytes * most_rows ≤ length rows.now) }
     ensures inside { MetInside last result }
@@ -580,8 +578,9 @@ fn meet_row(
         number: left.left,
     };
     let mut n = left.count;
-    let mut from = middle;
-    while let Some(w) = next_met(rows, kind, channel, from, last) {
+    // By two calls: with one, as the loop's condition, the rows that do not meet are passed over more slowly.
+    let mut next = next_met(rows, kind, channel, middle, last);
+    while let Some(w) = next {
         let kind2 = rows[ROW_BYTES * w];
         let channel2 = rows[ROW_BYTES * w + 1];
         let object2 = rows[ROW_BYTES * w + 2];
@@ -599,7 +598,7 @@ fn meet_row(
             number: i,
         };
         n = take_pair(question, bodies, part, tally, node, pair, area, n)?;
-        from = w + 1;
+        next = next_met(rows, kind, channel, w + 1, last);
     }
     Some(n)
 }
